@@ -7,7 +7,7 @@ usage: tools/figures.py peers [--only NAME]... [--kills N] [--rate N] [--mb N] [
 Each pair of processes takes a log that is tailed over 127.0.0.1 to a file of the other end. Two runs each, in a new folder
 below the current one, which needs four times the bytes:
 
-- kills: numbered lines of about 200 bytes are appended, N a second (2,000). N times (20) the receiver and the sender are
+- kills: numbered lines of about 200 bytes are appended, N a second (10,000). N times (20) the receiver and the sender are
   killed in turn with SIGKILL, up to a second after lines flow again, and restarted up to half a second later. Then
   everything is left alone until nothing arrives for 6 s, ended with SIGTERM and started once more, so that what the queues
   keep can arrive. The lines of the receiver's file are counted: missing numbers are lost, further copies doubled, numbers
@@ -60,7 +60,7 @@ main_queue(queue.type="Direct")
 module(load="imfile" mode="inotify")
 module(load="omrelp")
 template(name="line" type="string" string="%msg%")
-input(type="imfile" file="$folder/app.log" tag="t:" ruleset="out" freshStartTail="off" persistStateInterval="1")
+input(type="imfile" file="$folder/app.log" tag="t:" ruleset="out" freshStartTail="off" persistStateInterval="100")
 ruleset(name="out") {
   action(type="omrelp" target="127.0.0.1" port="$port" template="line" timeout="10" windowSize="$window"
     action.resumeRetryCount="-1" action.resumeInterval="1" $sender_queue)
@@ -79,7 +79,8 @@ ruleset(name="in" $receiver_queue) {
 DIRECT = 'queue.type="Direct"'
 DISK_ASSISTED = (
     'queue.type="LinkedList" queue.filename="kept" queue.spoolDirectory="{0}" queue.size="1000"'
-    ' queue.maxDiskSpace="2g" queue.checkpointInterval="1" queue.saveOnShutdown="on" queue.workerThreads="1"'
+    ' queue.dequeueBatchSize="128" queue.maxDiskSpace="2g" queue.checkpointInterval="1" queue.saveOnShutdown="on"'
+    ' queue.workerThreads="1"'
 )
 SYSLOG_NG_SENDER = """\
 @version: 3.38
@@ -231,7 +232,7 @@ class Rsyslog(Pair):
     name = "rsyslog"
     program = "rsyslogd"
     files = {"sender.conf": RSYSLOG_SENDER, "receiver.conf": RSYSLOG_RECEIVER}
-    settings = "imfile, RELP, no queues; the position of each line is saved"
+    settings = "imfile, RELP, no queues"
     window = 1
     queues = {"sender": DIRECT, "receiver": DIRECT}
 
@@ -257,7 +258,8 @@ class Rsyslog(Pair):
 class RsyslogQueues(Rsyslog):
     name = "rsyslog-queues"
     settings = "imfile, RELP, disk-assisted queues of 1,000 lines"
-    window = 128
+    # Above a batch of the queue: with less, each batch waits for a delayed acknowledgement.
+    window = 1000
     queues = {"sender": DISK_ASSISTED, "receiver": DISK_ASSISTED}
 
 
@@ -361,13 +363,16 @@ class Counts:
         return not (self.lost or self.doubled or self.disordered or self.torn)
 
 
-def settled(pair, until, quiet=QUIET):
-    """Waits until nothing has arrived for some seconds."""
+def settles(pair, until):
+    """Waits until nothing has arrived for QUIET seconds; whether that happened in time."""
     last, since = pair.arrived(), time.monotonic()
-    while time.monotonic() - since < quiet and time.monotonic() < until:
+    while time.monotonic() - since < QUIET:
+        if time.monotonic() > until:
+            return False
         time.sleep(0.1)
         if (now := pair.arrived()) != last:
             last, since = now, time.monotonic()
+    return True
 
 
 def flows(pair, until, seconds=15):
@@ -379,16 +384,17 @@ def flows(pair, until, seconds=15):
 
 
 def through_kills(kind, asked, folder, until):
-    """The counts, the kills that were made, and how often a process ended by itself."""
+    """The counts, the kills that were made, how often a process ended by itself, and whether all came to rest in time."""
     pair, chance = kind(asked, folder), random.Random(asked.seed)
     writer, kills = Writer(pair.log, asked.rate), 0
     open(pair.log, "wb").close()
-    until -= 3 * QUIET
+    # Half of the time is for what is late.
+    middle = (time.monotonic() + until) / 2
     try:
         pair.start("receiver")
         pair.start("sender")
         writer.thread.start()
-        while kills < asked.kills and time.monotonic() < until:
+        while kills < asked.kills and time.monotonic() < middle:
             flows(pair, until)
             time.sleep(chance.random())
             end = ("receiver", "sender")[kills % 2]
@@ -398,18 +404,19 @@ def through_kills(kind, asked, folder, until):
             pair.start(end)
         flows(pair, until)
         writer.stop()
-        settled(pair, until + QUIET)
+        rests = settles(pair, until)
         pair.stop()
         if pair.arrived() < writer.size:
             pair.start("receiver")
             pair.start("sender")
-            settled(pair, until + 3 * QUIET)
+            rests = settles(pair, until)
+            pair.stop()
         pair.gather()
     finally:
         if writer.thread.is_alive():
             writer.stop()
         pair.stop(5)
-    return Counts(pair.received(), writer.count), kills, pair.alone
+    return Counts(pair.received(), writer.count), kills, pair.alone, rests
 
 
 def copied(folder):
@@ -420,7 +427,7 @@ def copied(folder):
 
 
 def timed(kind, asked, folder, until):
-    """The bytes that arrived, of how many, in how many seconds, and the seconds of `cat` and sync."""
+    """The bytes that arrived, of how many, in how many seconds, those of `cat` and sync, and whether they are the log's."""
     pair = kind(asked, folder)
     with open(pair.log, "wb") as log:
         size = number = 0
@@ -443,9 +450,7 @@ def timed(kind, asked, folder, until):
         data = pair.received()
     finally:
         pair.stop(5)
-    if len(data) == size and data != contents(pair.log):
-        raise Ended("the receiver's file isn't the log")
-    return min(len(data), size), size, took, beside
+    return min(len(data), size), size, took, beside, contents(pair.log).startswith(data)
 
 
 def measured(what, kind, asked, share):
@@ -462,17 +467,17 @@ def cells(counted, speed):
     if isinstance(counted, str):
         yield from (counted, "", "", "", "")
     else:
-        counts, kills, alone = counted
-        note = f", {alone} ended by themselves" if alone else ""
-        yield f"{kills}{note}"
+        counts, kills, alone, rests = counted
+        note = "" if rests else ", cut off"
+        yield f"{kills}{note}" + (f", {alone} exits" if alone else "")
         yield f"{counts.lost:,} of {counts.count:,}"
         yield from (f"{each:,}" for each in (counts.doubled, counts.disordered, counts.torn))
     if isinstance(speed, str):
         yield from (speed, "")
     else:
-        arrived, size, took, beside = speed
-        part = "" if arrived == size else f" ({arrived / 1e6:.0f} MB in {took:.0f} s)"
-        yield f"{arrived / took / 1e6:.1f}{part}"
+        arrived, size, took, beside, same = speed
+        part = "" if arrived == size else f", cut off at {arrived / 1e6:.0f} MB"
+        yield f"{arrived / took / 1e6:.1f}{part}" + ("" if same else ", out of order")
         yield f"{size / beside / 1e6:.0f}"
 
 
@@ -516,7 +521,7 @@ def main():
     parser = parser_of(__doc__)
     parser.add_argument("--only", choices=list(kinds), action="append", help="some of the rows")
     parser.add_argument("--kills", type=int, default=20, help="kills of each pair (20)")
-    parser.add_argument("--rate", type=int, default=2_000, help="lines a second while processes are killed (2,000)")
+    parser.add_argument("--rate", type=int, default=10_000, help="lines a second while processes are killed (10,000)")
     parser.add_argument("--mb", type=int, default=200, help="megabytes of the log that is timed (200)")
     parser.add_argument("--minutes", type=float, default=10, help="what all may take (10)")
     parser.add_argument("--seed", type=int, default=1, help="of the moments of the kills (1)")
