@@ -60,7 +60,7 @@ main_queue(queue.type="Direct")
 module(load="imfile" mode="inotify")
 module(load="omrelp")
 template(name="line" type="string" string="%msg%")
-input(type="imfile" file="$folder/app.log" tag="t:" ruleset="out" freshStartTail="off" persistStateInterval="100")
+input(type="imfile" file="$folder/app.log" tag="t:" ruleset="out" freshStartTail="off" persistStateInterval="$saved")
 ruleset(name="out") {
   action(type="omrelp" target="127.0.0.1" port="$port" template="line" timeout="10" windowSize="$window"
     action.resumeRetryCount="-1" action.resumeInterval="1" $sender_queue)
@@ -119,6 +119,10 @@ def line_of(number):
     size = LINE // 2 - 11 + number * 7919 % LINE
     start = number * 31 % POOL
     return b"%010d %s" % (number, TEXT[start : start + size])
+
+
+class Ended(Exception):
+    """A process that ended, or didn't start, so that a run can't be measured."""
 
 
 class Packages:
@@ -233,13 +237,15 @@ class Rsyslog(Pair):
     program = "rsyslogd"
     files = {"sender.conf": RSYSLOG_SENDER, "receiver.conf": RSYSLOG_RECEIVER}
     settings = "imfile, RELP, no queues"
-    window = 1
+    # Lines that may be under way, and lines between two writes of the log's position.
+    window, saved = 1, 1000
     queues = {"sender": DIRECT, "receiver": DIRECT}
 
     @classmethod
     def filled(cls, made, folder, port):
         queues = {f"{end}_queue": queue.format(f"{folder}/{end}") for end, queue in cls.queues.items()}
-        return string.Template(made).substitute(folder=folder, port=port, window=cls.window, **queues)
+        values = {"folder": folder, "port": port, "window": cls.window, "saved": cls.saved, **queues}
+        return string.Template(made).substitute(values)
 
     def words(self, end):
         # A killed process leaves its file of the process number, with which another one doesn't start.
@@ -259,7 +265,7 @@ class RsyslogQueues(Rsyslog):
     name = "rsyslog-queues"
     settings = "imfile, RELP, disk-assisted queues of 1,000 lines"
     # Above a batch of the queue: with less, each batch waits for a delayed acknowledgement.
-    window = 1000
+    window, saved = 1000, 100
     queues = {"sender": DISK_ASSISTED, "receiver": DISK_ASSISTED}
 
 
@@ -311,10 +317,6 @@ class Chukwa(Pair):
         with open(f"{TOP}/CHANGELOG.md", encoding="utf-8") as changes:
             heads = [line[3:].split(" ")[0] for line in changes if line.startswith("## ")]
         return f"after {heads[1]}" if heads[0] == "Not" else heads[0]
-
-
-class Ended(Exception):
-    """A process that didn't do what the run stands on."""
 
 
 class Writer:
@@ -388,8 +390,8 @@ def through_kills(kind, asked, folder, until):
     pair, chance = kind(asked, folder), random.Random(asked.seed)
     writer, kills = Writer(pair.log, asked.rate), 0
     open(pair.log, "wb").close()
-    # Half of the time is for what is late.
-    middle = (time.monotonic() + until) / 2
+    # A third of the time is for what is late.
+    middle = until - (until - time.monotonic()) / 3
     try:
         pair.start("receiver")
         pair.start("sender")
