@@ -323,7 +323,7 @@ class Writer:
     """Appends numbered lines to a log beside the script, so many a second."""
 
     def __init__(self, path, rate):
-        self.path, self.rate, self.count, self.size = path, rate, 0, 0
+        self.path, self.rate, self.count = path, rate, 0
         self.ending = threading.Event()
         self.thread = threading.Thread(target=self.write, daemon=True)
 
@@ -332,9 +332,8 @@ class Writer:
         with open(self.path, "ab", buffering=0) as log:
             while not self.ending.wait(0.02):
                 wanted = int((time.monotonic() - began) * self.rate)
-                made = b"".join(line_of(number) + b"\n" for number in range(self.count, wanted))
-                log.write(made)
-                self.count, self.size = wanted, self.size + len(made)
+                log.write(b"".join(line_of(number) + b"\n" for number in range(self.count, wanted)))
+                self.count = wanted
 
     def stop(self):
         self.ending.set()
@@ -406,13 +405,13 @@ def through_kills(kind, asked, folder, until):
             pair.start(end)
         flows(pair, until)
         writer.stop()
+        settles(pair, until)
+        pair.stop()
+        # What queues keep on the disk arrives after a restart.
+        pair.start("receiver")
+        pair.start("sender")
         rests = settles(pair, until)
         pair.stop()
-        if pair.arrived() < writer.size:
-            pair.start("receiver")
-            pair.start("sender")
-            rests = settles(pair, until)
-            pair.stop()
         pair.gather()
     finally:
         if writer.thread.is_alive():
