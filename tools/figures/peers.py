@@ -11,7 +11,8 @@ below the current one, which needs four times the bytes:
   killed in turn with SIGKILL, up to a second after lines flow again, and restarted up to half a second later. Then
   everything is left alone until nothing arrives for 6 s, ended with SIGTERM and started once more, so that what the queues
   keep can arrive. The lines of the receiver's file are counted: missing numbers are lost, further copies doubled, numbers
-  below an earlier one out of order; torn are lines that the log doesn't have.
+  below an earlier one out of order; torn are lines that the log doesn't have. Lost lines at the end of the log, which may
+  only be late, are shown.
 - speed: a log of N megabytes (200) from the start of the sender until all is in the receiver's file and that is synced.
   chukwa's time includes its syncs and the archive run. Beside it `cat` of the log and a sync of the copy, just before.
 
@@ -359,6 +360,8 @@ class Counts:
                 seen[number], highest = 1, max(number, highest)
         self.torn += rest != b""
         self.lost = count - sum(seen)
+        # Those behind the last one that arrived, which may only be late.
+        self.late = count - 1 - highest
 
     def is_right(self):
         return not (self.lost or self.doubled or self.disordered or self.torn)
@@ -471,7 +474,7 @@ def cells(counted, speed):
         counts, kills, alone, rests = counted
         note = "" if rests else ", cut off"
         yield f"{kills}{note}" + (f", {alone} exits" if alone else "")
-        yield f"{counts.lost:,} of {counts.count:,}"
+        yield f"{counts.lost:,} of {counts.count:,}" + (f", {counts.late:,} at the end" if counts.late else "")
         yield from (f"{each:,}" for each in (counts.doubled, counts.disordered, counts.torn))
     if isinstance(speed, str):
         yield from (speed, "")
