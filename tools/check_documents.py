@@ -5,12 +5,12 @@ usage: tools/check_documents.py
 
 It prints a line for each of these faults, and ends with 1 if there is one:
 
-- a link, or a path in backquotes that begins with a folder of the repository or a crate, leads nowhere (docs/CHANGING.md
+- a link, or a path in backquotes that begins with a folder of the repository or a crate, leads nowhere (CONTRIBUTING
   shortens two crates to `W/` and `R/`);
 - a document cites a row of DECISIONS that is missing, or the rows don't have the numbers from 1 on, each once;
-- a crate has no row in LAYERS, or its row names a crate that it does not stand on;
-- AUDIT names a law, a proof file, or a definition `NAME` of `FILE` that is missing, or AUDIT or README states another
-  size of the headline;
+- a crate of crates.txt has no row in ARCHITECTURE, or a row names another crate or stands in another group;
+- AUDIT names a law, a proof file, or a definition `NAME` of `FILE` that is missing, or a sentence of the guarantee that
+  README lacks, or AUDIT or README states another size of the headline;
 - OPERATING or packaging/bash-completion lacks an option of `chukwa` or a usage line of `chukwactl`, or the completion has
   an option that the programs don't take. Their own lists are in src/usage.rt of chk_cmd_line and chk_ctl_line.
 
@@ -75,19 +75,24 @@ def decisions():
             yield from (f"{name}: DECISIONS has no row {number}" for number in re.findall(r"\d+", cited) if int(number) not in found)
 
 
-def layers():
-    """Crates that LAYERS lacks, and crates in a row that isn't on what it stands."""
-    deps, seen = {name: below for name, (_, below) in crates().items()}, set()
-    for line in document("docs/LAYERS.md").split("\n"):
-        cells = [cell.strip() for cell in line.strip("|").split("|")]
-        name = cells[0].strip("`")
-        if line.startswith("| `") and len(cells) == 3 and name in deps:
-            seen.add(name)
-            for below in re.findall(r"\bch(?:k|ukwa)_?\w*", cells[1]):
-                if below not in deps[name]:
-                    yield f"docs/LAYERS.md: crates.txt has {below} not below {name}"
-    for name in deps.keys() - seen:
-        yield f"docs/LAYERS.md: there is no row of {name}"
+def rows_of_crates():
+    """Where the rows of crates in ARCHITECTURE differ from crates.txt."""
+    wanted = {name: group.split(":")[0] for name, (group, _) in crates().items()}
+    found, group = {}, ""
+    for line in document("docs/ARCHITECTURE.md").partition("\n## Crates\n")[2].split("\n"):
+        if title := re.match(r"\*\*(.+)\*\*$", line):
+            group = title[1].lower()
+        elif row := re.match(r"\| `(\w+)` \|", line):
+            if row[1] in found:
+                yield f"docs/ARCHITECTURE.md: there are two rows of {row[1]}"
+            found[row[1]] = group
+    for name in sorted(wanted.keys() - found.keys()):
+        yield f"docs/ARCHITECTURE.md: there is no row of {name}"
+    for name in sorted(found.keys() - wanted.keys()):
+        yield f"docs/ARCHITECTURE.md: crates.txt has no {name}"
+    for name in sorted(wanted.keys() & found.keys()):
+        if wanted[name] != found[name]:
+            yield f"docs/ARCHITECTURE.md: crates.txt has {name} in the group {wanted[name]}"
 
 
 def audit():
@@ -105,6 +110,10 @@ def audit():
         path = f"{TOP}/crates/{file}"
         if not os.path.isfile(path) or not re.search(rf"^(?:\w+ )+{name}\b", text_of(path), re.M):
             yield f"docs/AUDIT.md: there is no {name} in {file}"
+    readme = document("README.md")
+    for sentence in re.findall(r"^\| (.*\.) \| `\w+` of `Headline` \|$", text, re.M):
+        if sentence not in readme:
+            yield f"docs/AUDIT.md: README doesn't say: {sentence}"
     for name in ("README.md", "docs/AUDIT.md"):
         for said in re.findall(r"[\d,]+ lines of definitions in \d+ files", document(name)):
             if said != size:
@@ -149,7 +158,7 @@ def main():
     if sys.argv[1:]:
         print(__doc__.strip())
         return 0 if sys.argv[1:] in (["--help"], ["-h"]) else 2
-    found = [line for check in (paths, decisions, layers, audit, options, inspection_options) for line in check()]
+    found = [line for check in (paths, decisions, rows_of_crates, audit, options, inspection_options) for line in check()]
     for line in found:
         print(line, file=sys.stderr)
     return 1 if found else 0

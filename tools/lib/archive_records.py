@@ -1,21 +1,22 @@
 #!/usr/bin/env python3
-"""Makes the bytes of which the rows of archive runs and of joins put together sinks, segments and books.
+"""Makes the bytes of which the cases of archive runs and of joins put together sinks, segments and books.
 
 usage: tools/lib/archive_records.py [check]
 
-It writes `src/records.rt` of `crates/chk_test_archive` and `src/parts.rt` of `crates/chk_test_join`; with `check` it
-writes nothing, and ends with 1 where one is not as it would write it. It follows docs/FORMATS.md and shares no line with
-the program, so that what the program writes is compared with what another writer makes.
+It writes its lines of `parts`, and the MD5 that `archive/turns.cases` asks for, both in
+`crates/chk_test_cases/data`; with `check` it writes nothing, and ends with 1 where a line is missing or isn't as it
+would write it. It follows docs/FORMATS.md and shares no line with the program, so that what the program writes is
+compared with what another writer makes.
 """
 import hashlib
 import os
 import sys
 
 HERE = os.path.dirname(os.path.abspath(__file__))
-FILE = os.path.join(HERE, "../../crates/chk_test_archive/src/records.rt")
-PARTS = os.path.join(HERE, "../../crates/chk_test_join/src/parts.rt")
+DATA = os.path.join(HERE, "../../crates/chk_test_cases/data")
 
 CLASS = b"\x22org.apache.hadoop.io.BytesWritable"
+HEADER = b"SEQ\x06" + CLASS + CLASS + b"\0\0\0\0\0\0"
 LOG = ("h1", "Log", "/a.log")
 DAY = (b"2010-11-08 09:00:00,001 INFO namenode: started\n"
        b"2010-11-08 09:00:01,250 ERROR namenode: failed\n"
@@ -62,42 +63,51 @@ def book(following, segments, ends, aside=None):
     return made + (big_endian(aside[0], 8) + big_endian(aside[1], 8) if aside else b"")
 
 
-def markers():
+def headers():
+    """The headers of sinks and segments, each with the marker of its stem behind it."""
     stems = ["c1.1.1", "c1.1.2", "c1.2.1", "c2.1.1", "c3.1.1", "seg.1", "seg.2", "seg.17", "seg.18"]
-    return [(stem.upper().replace(".", "_"), hashlib.md5(stem.encode()).digest()) for stem in stems]
+    named = [stem.upper().replace(".", "_").replace("SEG_", "SEGMENT_") for stem in stems]
+    named = [name if name.startswith("SEGMENT") else "SINK_" + name for name in named]
+    markers = [literal(hashlib.md5(stem.encode()).digest()) for stem in stems]
+    return [(name, f'HEADER "{marker}"') for name, marker in zip(named, markers)]
 
 
 def records():
+    """Named by the data; behind that by what isn't the usual stream, start 0 and cluster none."""
+    h2 = ("h2", "Log", "/a.log")
     day = [("DAY_" + host.upper(), record(194, DAY, (host, "HadoopLog", "/var/log/hadoop/namenode.log")))
            for host in ("h1", "h2", "h3")]
+    lines = [(f"LINE_TO_{end}", record(end, b"a\n")) for end in range(2, 36, 2)]
     return [
         ("HELLO", record(6, b"hello\n")),
-        ("O_WORL", record(10, b"o\nworl")),
-        ("WORL", record(10, b"worl")),
-        ("WORLD", record(12, b"world\n")),
-        ("WORLD_OF_WEST", record(12, b"world\n", cluster="west")),
-        ("HELLO_WORLD", record(12, b"hello\nworld\n")),
-        ("PAST", record(22, b"past")),
-        ("EAST", record(104, b"abcd", ("h2", "Log", "/a.log"), 100, "east")),
-        ("WEST", record(106, b"ef", ("h2", "Log", "/a.log"), 100, "west")),
+        ("HALF_HELLO", record(6, b"hello\n")[:-10]),
+        ("HELLO_FROM_3", record(9, b"hello\n", LOG, 3)),
+        ("HELLO_FROM_5", record(11, b"hello\n", LOG, 5)),
+        ("HELLO_FROM_5_ALOUD", record(11, b"heLlo\n", LOG, 5)),
+        ("HELLX", record(6, b"hellx\n")),
         ("SHORT_NAME", record(6, b"hello\n", ("h1", "Log", "a.log"))),
         ("MOVED", record(11, b"hello\n", LOG, 5, "demo")),
-        ("APP", record(3, b"xyz", ("h1", "App", "/b.log"))),
-        ("EARLY", record(2, b"zz", ("a0", "Log", "/z.log"))),
-        ("FIFTEEN", b"".join(record(2 * line, b"a\n") for line in range(1, 16))),
-        ("FALSE", record(2, b"b\n")),
-        ("LATER", record(11, b"worl")),
-        ("EARLIER", record(9, b"worl")),
-        ("STARTED", record(10, b"worl", LOG, 6)),
-        ("SPELLED", record(10, b"worl", version=2)),
-        ("BEGUN", record(11, b"hello\n", LOG, 5)),
-        ("WORLD_FROM_5", record(12, b"world\n", LOG, 5)),
-        ("HELLO_FROM_3", record(9, b"hello\n", LOG, 3)),
-        ("PAST_FROM_5", record(22, b"past", LOG, 5)),
+        ("HELLO_WORLD", record(12, b"hello\nworld\n")),
+        ("O_WORL", record(10, b"o\nworl")),
+        ("WORL_TO_9", record(9, b"worl")),
+        ("WORL_TO_10", record(10, b"worl")),
+        ("WORL_TO_11", record(11, b"worl")),
+        ("WORL_FROM_6", record(10, b"worl", LOG, 6)),
+        ("WORL_IN_FULL", record(10, b"worl", version=2)),
+        ("WORLD", record(12, b"world\n")),
         ("WORLD_ALOUD", record(12, b"WORLD\n")),
-        ("OTHER", record(2, b"x\n", ("h2", "Log", "/a.log"))),
-        ("HALF", record(6, b"hello\n")[:-10]),
-    ] + day
+        ("WORLD_FROM_5", record(12, b"world\n", LOG, 5)),
+        ("WORLD_OF_WEST", record(12, b"world\n", cluster="west")),
+        ("PAST", record(22, b"past")),
+        ("PAST_FROM_5", record(22, b"past", LOG, 5)),
+        ("X_OF_H2", record(2, b"x\n", h2)),
+        ("X_OF_H2_ALOUD", record(2, b"X\n", h2)),
+        ("ABCD_OF_EAST", record(104, b"abcd", h2, 100, "east")),
+        ("EF_OF_WEST", record(106, b"ef", h2, 100, "west")),
+        ("XYZ_OF_APP", record(3, b"xyz", ("h1", "App", "/b.log"))),
+        ("ZZ_OF_A0", record(2, b"zz", ("a0", "Log", "/z.log"))),
+        ("FALSE_LINE", record(2, b"b\n")),
+    ] + day + lines
 
 
 def size(*names):
@@ -113,21 +123,21 @@ def books():
         ("BOOK_SIX", book(2, [(1, size("HELLO"))], [(LOG, 6, 0)])),
         ("BOOK_SHORT_NAME", book(2, [(1, size("SHORT_NAME"))], [(("h1", "Log", "a.log"), 6, 0)])),
         ("BOOK_MOVED", book(2, [(1, size("MOVED"))], [(LOG, 11, 5)])),
-        ("BOOK_TEN", book(2, [(1, size("HELLO", "WORL"))], [(LOG, 10, 0)])),
+        ("BOOK_TEN", book(2, [(1, size("HELLO", "WORL_TO_10"))], [(LOG, 10, 0)])),
         ("BOOK_ASIDE", book(2, [], [], (1, size("WORLD")))),
         ("BOOK_TWO_ASIDE", book(2, [], [], (1, size("WORLD", "PAST")))),
         ("BOOK_NEXT_ASIDE", book(3, [], [], (2, size("WORLD", "PAST")))),
         ("BOOK_TWO_ALOUD", book(2, [], [], (1, size("WORLD", "WORLD_ALOUD")))),
         ("BOOK_CLOSED", book(3, [(2, size("HELLO", "WORLD"))], [(LOG, 12, 0)])),
         ("BOOK_TWELVE", book(3, [(1, size("HELLO")), (2, size("WORLD"))], [(LOG, 12, 0)])),
-        ("BOOK_STREAMS", book(2, [(1, size("EARLY", "APP", "HELLO", "EAST", "WEST"))], streams)),
+        ("BOOK_STREAMS", book(2, [(1, size("ZZ_OF_A0", "XYZ_OF_APP", "HELLO", "ABCD_OF_EAST", "EF_OF_WEST"))], streams)),
         ("BOOK_DAY", book(2, [(1, size("DAY_H1", "DAY_H2", "DAY_H3"))], day)),
     ]
 
 
 def turns():
     """The segment of 20 streams, stream after stream, each of 1,100 records of 200 equal bytes."""
-    made = bytearray(b"SEQ\x06" + CLASS + CLASS + b"\0\0" + big_endian(0, 4) + hashlib.md5(b"seg.1").digest())
+    made = bytearray(HEADER + hashlib.md5(b"seg.1").digest())
     sync = len(made)
     for host in range(20):
         for number in range(1100):
@@ -144,95 +154,77 @@ def literal(data):
     return "".join(spelled.get(b) or (chr(b) if 32 <= b < 127 else "\\x%02x" % b) for b in data)
 
 
-def constant(name, data):
-    """It stands on one line where it has room in a line with `pub(crate)`. Others read the header and the MD5 by their names."""
-    line = 'pub(crate) const %s: &[u8] = b"%s";' % (name, literal(data))
-    line = line if len(line) <= 100 else line.replace(" = ", " =\n    ", 1)
-    return line if name in ("HEADER", "TURNS") else line.replace("pub(crate) ", "", 1)
+def pieces():
+    """Parts of records: the size that one begins with, alone or too large; what is before the value of a record of
+    200,000 bytes, with a sequence id below that, and with another size of the value."""
+    long = record(200_000, b"x" * 200_000)[:42]
+    return [
+        ("RECORD_SIZE", record(6, b"hello\n")[:4]),
+        ("TOO_LONG_SIZE", big_endian(0x40001, 4)),
+        ("LONG_HEAD", long),
+        ("EARLY_HEAD", record(199_999, b"x" * 200_000)[:42]),
+        ("WRONG_HEAD", long[:-4] + big_endian(200_001, 4)),
+    ]
 
 
-# Parts that the test joins with others, and files that are none of the archive's.
-PIECES = r"""
-// The record of two bytes of /a.log of h1, up to the offset that it ends at, and behind that.
-const LINE: &[u8] = b"\0\0\0\x24\0\0\0\x1e\0\0\0\x1a\x01";
-
-const REST: &[u8] = b"\0\x02h1\0\x03Log\0\x06/a.log\0\0\0\x02a\n";
-
-// The size of a record and no more, one of a key that is too long, and a file of another kind.
-const TORN: &[u8] = b"\0\0\0\x28";
-
-const LONG: &[u8] = b"\0\x04\0\x01";
-
-const NO_SEQ: &[u8] = b"SEX";
-
-// Other files: how often a collector was born, and one byte.
-const BORN: &[u8] = b"\0\0\0\0\0\0\0\x01";
-
-const BYTE: &[u8] = b"x";
-"""
+def fields():
+    """What a book begins with, by its version, and the texts of a stream."""
+    heads = [(f"BOOK_{version}", b"CHKB" + bytes([version])) for version in (1, 2, 3)]
+    texts = [("STREAM", LOG), ("STREAM_APP", ("h1", "App", "/a.log"))]
+    texts += [("STREAM_" + host.upper(), (host, "Log", "/a.log")) for host in ("h0", "h2")]
+    return heads + [(name, stream(of)) for name, of in texts]
 
 
-def group(what, rows):
-    return "\n// %s\n" % what + "\n".join(constant(name, data) + "\n" for name, data in rows)
+def joined():
+    """Names for several parts: the lines of a merged segment; the segments of a book, each of one line; and what a stop
+    leaves of a merged segment and of a joined one in place of what wasn't synced."""
+    def lines(first, last):
+        return " ".join(f"LINE_TO_{end}" for end in range(first, last + 2, 2))
+
+    segments = " ".join(f"eight:{number} eight:140" for number in range(2, 17))
+    return [
+        ("LINES_TO_30", lines(2, 30)),
+        ("LINES_TO_32", "LINES_TO_30 LINE_TO_32"),
+        ("FIFTEEN_SEGMENTS", segments),
+        ("SIXTEEN_SEGMENTS", "four:16 eight:1 eight:140 FIFTEEN_SEGMENTS"),
+        ("FALSE_SEGMENT", "SEGMENT_17 FALSE_LINE LINES_TO_30"),
+        ("FALSE_SEGMENT_OF_TWO", "FALSE_SEGMENT ABCD_OF_EAST"),
+        ("FALSE_JOINED", "SEGMENT_1 WORLD"),
+    ]
 
 
-def lookup(function, what, names):
-    """The function that gives the constant of a name."""
-    made = "\n// %s\npub(crate) fn %s(name: &str) -> Option<&'static [u8]> {\n    match name {\n" % (what, function)
-    for name in names:
-        made += '        "%s" => Some(%s),\n' % (name, name)
-    return made + "        _ => None,\n    }\n}\n"
+def lines():
+    """The lines of the file of parts, by their beginning."""
+    made = [(name, f'"{literal(data)}"') for name, data in records() + pieces() + fields() + books()]
+    made = [("HEADER", f'"{literal(HEADER)}"')] + headers() + made + joined()
+    return [(f"{name} = ", words) for name, words in made]
 
 
-def names_of(rows):
-    return [name for name, _ in rows]
-
-
-def text():
-    header = [("HEADER", b"SEQ\x06" + CLASS + CLASS + b"\0\0" + big_endian(0, 4))]
-    made = "//! The bytes of sinks, segments and books, as `tools/lib/archive_records.py` makes them.\n"
-    made += group("The header of a sink or segment, up to its marker.", header)
-    made += group("Markers, by the stem of the sink or segment.", markers())
-    made += group("Records of chunks.", records())
-    made += PIECES
-    made += group("Books of the archive.", books())
-    made += group("The MD5 of a segment of short records of 20 streams.", [("TURNS", hashlib.md5(turns()).digest())])
-    made += lookup("marker", "The marker of a sink or segment.", names_of(markers()))
-    pieces = ["LINE", "REST", "TORN", "LONG", "NO_SEQ", "BORN", "BYTE"]
-    what = "A record, or a file that is none of the archive's."
-    made += lookup("record", what, names_of(records()) + pieces)
-    made += lookup("book", "A book.", names_of(books()))
-    return made
-
-
-def parts():
-    """The parts of two archives that are joined."""
-    head = b"SEQ\x06" + CLASS + CLASS + b"\0\0" + big_endian(0, 4)
-    segments = [(name, head + mark) for name, mark in markers() if name in ("SEG_1", "SEG_2", "SEG_17")]
-    made = dict(records())
-    names = ["HELLO", "WORL", "WORLD", "WORLD_ALOUD", "WORLD_OF_WEST", "HELLO_WORLD", "BEGUN", "OTHER"]
-    chunks = [(name, made[name]) for name in names]
-    chunks += [("HELLX", record(6, b"hellx\n")), ("OTHER_ALOUD", record(2, b"X\n", ("h2", "Log", "/a.log"))),
-               ("BEGUN_ALOUD", record(11, b"heLlo\n", LOG, 5))]
-    fields = [("HEAD", b"CHKB\x01"), ("HEAD_2", b"CHKB\x02"), ("HEAD_3", b"CHKB\x03"), ("OTHER_HEAD", b"CHKX\x01"),
-              ("TEXTS", stream(LOG)), ("OTHER_TEXTS", stream(("h2", "Log", "/a.log"))), ("BYTE", b"x")]
-    made = "//! The parts of segments and books, as `tools/lib/archive_records.py` makes them.\n"
-    made += group("The headers of segments, with their markers.", segments)
-    made += group("Records of chunks.", chunks)
-    made += group("The first field of a book, a stream's texts, and a byte.", fields)
-    made += lookup("part", "The part of this name.", names_of(segments + chunks + fields))
-    return made
+def written(text, wanted):
+    """The text with these lines in place of those of the same beginning, or behind the others."""
+    held = text.splitlines()
+    for begin, rest in wanted:
+        at = [number for number, line in enumerate(held) if line.startswith(begin)]
+        if at:
+            held[at[0]] = begin + rest
+        else:
+            held.append(begin + rest)
+    return "".join(line + "\n" for line in held)
 
 
 def main(words):
-    for file, made in ((FILE, text()), (PARTS, parts())):
+    turned = [("md5 archive/seg.1 => ", hashlib.md5(turns()).hexdigest())]
+    for name, wanted in (("parts", lines()), ("archive/turns.cases", turned)):
+        path = os.path.join(DATA, name)
+        with open(path) as file:
+            text = file.read()
+        made = written(text, wanted)
         if words == ["check"]:
-            with open(file) as held:
-                if held.read() != made:
-                    sys.exit(1)
+            if made != text:
+                sys.exit(1)
         else:
-            with open(file, "w") as new:
-                new.write(made)
+            with open(path, "w") as file:
+                file.write(made)
 
 
 if __name__ == "__main__":

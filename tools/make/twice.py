@@ -120,7 +120,7 @@ def main():
     if any(word not in (*whats, "uncited") for word in words):
         print(__doc__.strip())
         return 0 if words in (["--help"], ["-h"]) else 2
-    names = [name for name in crates() if tests or not name.startswith(("chk_test_", "chk_tool_"))]
+    names = [name for name in crates() if tests or not name.startswith("chk_test_")]
     for what, find in whats.items():
         if words and what not in words:
             continue

@@ -3,6 +3,7 @@
 
 usage: tools/try/refuse_memory.py [--every N] [--jobs N] [--program FILE] COMMAND...
        tools/try/refuse_memory.py [--every N] tests CRATE
+       tools/try/refuse_memory.py [--every N] cases FILE
 
 COMMAND is one of those of tools/try/kill_calls.py and of tools/try/kill_servers.py, over the same files. It wants a C
 compiler `cc`. For N from 1 until none is refused any more, in an own folder, the command's N-th allocation
@@ -15,10 +16,15 @@ the seconds, and ends with 1 where something was wrong.
 With `tests` the allocations of each test of CRATE are refused one at a time; `rt test` in the crate's folder
 leaves its program there. A test may pass, or fail with what it tells; a fault and a hang are wrong.
 `tools/try/refuse_memory.sh` tries a crate's tests without a proof.
+
+With `cases` they are refused one at a time while the program chk_test_cases plays the cases of FILE, as
+`tee/passing`; `rt run` in its folder leaves the program there. A case may end for want of memory, by an error or by
+the answer `no memory`; another answer is wrong, and so are a fault and a hang.
 """
 import collections
 import concurrent.futures
 import os
+import re
 import struct
 import subprocess
 import sys
@@ -36,6 +42,8 @@ MOST = 1_000_000
 LAST = "out of memory\n"
 # The status of a test that failed.
 FAILED = 101
+# How the program that plays cases ends for want of memory.
+WANT = re.compile("error: .*(NoMemory|AllocError|AllocFailed|OutOfMemory)")
 
 
 def built(folder):
@@ -207,23 +215,65 @@ def refused_tests(program, every, shim):
     return wrong == 0
 
 
+def cases_folder(folder, file):
+    """Has the folder name this file alone of the cases."""
+    data = f"{TOP}/crates/chk_test_cases/data"
+    for name in os.listdir(data):
+        if name != "files":
+            os.symlink(f"{data}/{name}", f"{folder}/{name}")
+    with open(f"{folder}/files", "w", encoding="utf-8") as files:
+        print(file, file=files)
+
+
+def is_for_memory(out, error):
+    """Whether cases that failed did so for want of memory."""
+    lines = [line for line in out.splitlines() if not line.endswith(" cases")]
+    return bool(WANT.search(error)) or all(line.endswith((": no memory", ": NoMemory")) for line in lines)
+
+
+def refused_cases(program, file, every, shim):
+    """Whether the cases of a file ended well, or for want of memory, where an allocation was refused."""
+    ended, wrong = collections.Counter(), 0
+    with tempfile.TemporaryDirectory(prefix="refuse-memory-") as folder:
+        cases_folder(folder, file)
+        told = f"{folder}/told"
+        for number in range(1, MOST, every):
+            words = ["env", f"LD_PRELOAD={shim}", f"REFUSE_AT={number}", f"REFUSE_TOLD={told}", program]
+            status, out, error = ran(words, folder)
+            if not os.path.exists(told):
+                break
+            os.remove(told)
+            if status == 0 or status == 1 and is_for_memory(out, error):
+                ended["well" if status == 0 else "for want of memory"] += 1
+            else:
+                wrong += 1
+                print(f"wrong: {number}: status {status} {out} {error}", flush=True)
+    for how, count in ended.most_common():
+        print(f"{count} ended {how}")
+    print(f"cases of {file}, runs {sum(ended.values()) + wrong}: {f'{wrong} BAD' if wrong else 'ok'}")
+    return wrong == 0
+
+
 def main():
     parser = parser_of(__doc__)
     choices = [*SCENES, *SMALL, *PEERS]
-    parser.add_argument("words", nargs="+", metavar="COMMAND", help=", ".join(choices) + "; or tests CRATE")
+    parser.add_argument("words", nargs="+", metavar="COMMAND", help=", ".join(choices) + "; or tests CRATE, or cases FILE")
     parser.add_argument("--every", type=int, default=1, help="refuse each N-th allocation alone (1)")
     parser.add_argument("--jobs", type=int, default=2, help="tries at a time (2)")
     add_program(parser)
     asked = parser.parse_args()
-    is_tests = asked.words[0] == "tests"
-    if (len(asked.words) != 2) if is_tests else not set(asked.words) <= set(choices):
-        parser.error("tests wants a crate; a command is one of " + ", ".join(choices))
+    is_tests, is_cases = asked.words[0] == "tests", asked.words[0] == "cases"
+    if (len(asked.words) != 2) if is_tests or is_cases else not set(asked.words) <= set(choices):
+        parser.error("tests wants a crate, and cases a file; a command is one of " + ", ".join(choices))
     print(load(), flush=True)
     with tempfile.TemporaryDirectory() as place:
         shim = built(place)
         if is_tests:
             program = f"{TOP}/crates/{asked.words[1]}/out/{asked.words[1]}_tests"
             return 0 if refused_tests(program, asked.every, shim) else 1
+        if is_cases:
+            program = f"{TOP}/crates/chk_test_cases/out/chk_test_cases"
+            return 0 if refused_cases(program, asked.words[1], asked.every, shim) else 1
         asked.program = program_of(asked)
         return 0 if all([refused_command(asked, shim, command) for command in asked.words]) else 1
 

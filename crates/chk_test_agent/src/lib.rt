@@ -1,21 +1,22 @@
-//! Tests of an agent, of its drains and of its runs over a site in memory.
+//! Scenes of agents over a site in memory: their runs, drains, checkpoints and deliveries.
 #![tactic(auto)]
 
-#[cfg(test)]
-mod drain_calls;
-#[cfg(test)]
-mod drained;
-#[cfg(test)]
-mod each_call;
-#[cfg(test)]
-mod programs;
-#[cfg(test)]
-mod run_calls;
-#[cfg(test)]
-mod run_programs;
-#[cfg(test)]
-mod run_scene;
-#[cfg(test)]
-mod run_writing;
-#[cfg(test)]
-mod turns;
+mod actors;
+mod acts;
+mod agents;
+mod answers;
+mod checkpoints;
+mod collectors;
+mod deliveries;
+mod drains;
+mod rehearsals;
+mod replies;
+mod runs;
+mod scene;
+mod sinks;
+mod starts;
+mod words;
+
+pub use actors::Actors;
+pub use deliveries::DeliveryScene;
+pub use scene::AgentScene;

@@ -1,105 +1,40 @@
-//! The bytes of files, put together of parts that have names, and the files of a site.
-use crate::calls::archiver;
-use crate::fields::field;
-use crate::records::{HEADER, book, marker, record};
-use crate::telling::plain;
-use chk_bytes::Bytes;
-use chk_site::Site;
+//! What is asked of files besides their bytes.
+use chk_site::{Act, ActAnswer, Call};
 use chk_site_mem::SiteMem;
+use md5::{Digest, Md5};
 use std::alloc::Global;
 use std::test::Fail;
 
-// `NUMBER` in eight bytes, `#NUMBER` in four. Whether it is one.
-fn add_number(bytes: &mut Bytes, name: &str) -> Result<bool, Fail> {
-    if let Some(number) = name.strip_prefix('#') {
-        let number: u32 = number.parse()?;
-        bytes.push_all(&number.to_be_bytes())?;
-        return Ok(true);
+// How many bytes the act gave, if it is a read of this file.
+fn given(act: &Act, name: &str) -> Option<usize> {
+    if act.call != Call::Read || act.words.as_slice().first()?.as_slice() != name.as_bytes() {
+        return None;
     }
-    let Ok(number) = name.parse::<u64>() else {
-        return Ok(false);
-    };
-    bytes.push_all(&number.to_be_bytes())?;
-    Ok(true)
+    match &act.answer {
+        ActAnswer::Done { words, .. } => words.as_slice().first().map(|bytes| bytes.len()),
+        _ => None,
+    }
 }
 
-// A marker stands behind a header.
-fn add_named(bytes: &mut Bytes, name: &str) -> Result<(), Fail> {
-    if let Some(marker) = marker(name) {
-        bytes.push_all(HEADER)?;
-        bytes.push_all(marker)?;
-        return Ok(());
-    }
-    let part = record(name)
-        .or(book(name))
-        .or(field(name))
-        .ok_or("no such part")?;
-    bytes.push_all(part)?;
-    Ok(())
-}
-
-pub(crate) fn bytes_of(alloc: Global, parts: &str) -> Result<Bytes, Fail> {
-    let mut bytes = Bytes::new(alloc);
-    for name in parts.split(' ') {
-        if !add_number(&mut bytes, name)? {
-            add_named(&mut bytes, name)?;
+// How many reads of a file there were, and how many bytes they gave.
+pub(crate) fn reads_text(alloc: Global, acts: &[Act], name: &str) -> Result<String, Fail> {
+    let mut count: u64 = 0;
+    let mut sum: usize = 0;
+    for act in acts {
+        if let Some(size) = given(act, name) {
+            count = count.saturating_add(1);
+            sum = sum.saturating_add(size);
         }
     }
-    Ok(bytes)
+    Ok(format!(in alloc; "{count} give {sum}")?)
 }
 
-// Makes a file, not yet synced.
-fn writes(alloc: Global, site: &mut SiteMem, name: &str, bytes: &[u8]) -> Result<(), Fail> {
-    let who = archiver(alloc)?;
-    if site.create(alloc, &who, name).is_err() {
-        return Err(Fail::new(name));
+// The MD5 of a file in digits of base 16.
+pub(crate) fn md5_text(alloc: Global, site: &SiteMem, name: &str) -> Result<String, Fail> {
+    let bytes = site.file(name).ok_or("no such file")?;
+    let mut text = String::new(alloc);
+    for byte in Md5::digest(bytes).as_slice() {
+        write!(text, "{byte:02x}")?;
     }
-    if site.append(alloc, &who, name, bytes).is_err() {
-        return Err(Fail::new(name));
-    }
-    Ok(())
-}
-
-fn syncs(alloc: Global, site: &mut SiteMem, name: &str) -> Result<(), Fail> {
-    let who = archiver(alloc)?;
-    if site.sync(alloc, &who, name).is_err() {
-        return Err(Fail::new(name));
-    }
-    Ok(())
-}
-
-// `NAME PARTS`.
-pub(crate) fn puts(
-    alloc: Global,
-    site: &mut SiteMem,
-    verb: &str,
-    text: &str,
-) -> Result<String, Fail> {
-    let (name, parts) = text.split_once(' ').ok_or("no parts")?;
-    let bytes = bytes_of(alloc, parts)?;
-    writes(alloc, site, name, bytes.as_slice())?;
-    if verb == "put" {
-        syncs(alloc, site, name)?;
-    }
-    plain(alloc, "done")
-}
-
-// `NAME PARTS`, or `NAME` alone where there is to be no such file.
-fn is_file(alloc: Global, site: &SiteMem, text: &str) -> Result<bool, Fail> {
-    let Some((name, parts)) = text.split_once(' ') else {
-        return Ok(site.file(text).is_none());
-    };
-    let bytes = bytes_of(alloc, parts)?;
-    Ok(site.file(name) == Some(bytes.as_slice()))
-}
-
-pub(crate) fn looks(alloc: Global, site: &SiteMem, text: &str) -> Result<String, Fail> {
-    plain(
-        alloc,
-        if is_file(alloc, site, text)? {
-            "done"
-        } else {
-            "other bytes"
-        },
-    )
+    Ok(text)
 }

@@ -1,71 +1,85 @@
-//! The heads of sinks, and segments and books that are written.
-use crate::scene::follows_each;
-use std::test::Fail;
+//! Segments and books that are written.
+ghost use Rattle.std.specs.Prelude.{IfOk, IsTrue};
+ghost use Rattle.chk_chunk.specs.Keys.{is_chunk};
+ghost use Rattle.chk_chunk.specs.Lent.{chunk_of};
 
-const HEADS: &str = "\
-no bytes
-put sinks/c1.1.1.done NOTHING
-heads = damaged sinks/c1.1.1.done 0
+use crate::job::archive_folder;
+use crate::telling::book_text;
+use chk_book::{Book, JobFault};
+use chk_bytes::{Bytes, NoMemory, Word};
+use chk_chunk::Chunk;
+use chk_site::Who;
+use chk_site_mem::SiteMem;
+use std::alloc::Global;
+use std::slice;
 
-another file
-put sinks/c1.1.1.done NO_SEQ
-heads = damaged sinks/c1.1.1.done 0
-
-no record
-put sinks/c1.1.1.done C1_1_1
-heads = heads 0
-
-a record
-put sinks/c1.1.1.done C1_1_1 HELLO
-heads = heads 1
-
-half a record
-put sinks/c1.1.1.done C1_1_1 HALF
-heads = damaged sinks/c1.1.1.done 96
-
-a long record
-put sinks/c1.1.1.done C1_1_1 LONG
-heads = damaged sinks/c1.1.1.done 96
-";
-
-#[test]
-fn heads(rt: HostRuntime) -> Result<(), Fail> {
-    follows_each(rt.alloc(), HEADS)
+fn word(alloc: Global, text: &str) -> Result<Word, NoMemory> {
+    Word::new(alloc, text.as_bytes()).map_err(|_| NoMemory)
 }
 
-// A segment of no chunk is its header.
-const WRITTEN: &str = "\
-a part
-part /a.log 0 = next 2, 1 144, h1 Log /a.log 0 6
-is archive/seg.1 SEG_1 HELLO
+// The first six bytes of a log of h1.
+fn hello(alloc: Global, name: &str, start: u32) -> Result<Chunk, NoMemory>
+    ensures { IfOk result (λ chunk. IsTrue (is_chunk (chunk_of chunk))) }
+{
+    let start = u64::from(start);
+    Ok(Chunk {
+        source: word(alloc, "h1")?,
+        kind: word(alloc, "Log")?,
+        name: word(alloc, name)?,
+        start,
+        cluster: word(alloc, "none")?,
+        seq: start + 6,
+        body: Bytes::from_slice(alloc, b"hello\n")?,
+    })
+}
 
-a part of a log with a shorter name
-part a.log 0 = next 2, 1 143, h1 Log a.log 0 6
-is archive/seg.1 SEG_1 SHORT_NAME
+// The book of a segment in which these bytes are a part of their stream.
+pub(crate) fn adds(
+    alloc: Global,
+    site: &mut SiteMem,
+    who: &Who,
+    name: &str,
+    start: u32,
+) -> Result<String, JobFault> {
+    let mut book = Book::new(alloc);
+    let chunk = hello(alloc, name, start)?;
+    let parts = slice::from_ref(&chunk);
+    book.add_segment(alloc, site, who, archive_folder(), parts)?;
+    Ok(book_text(alloc, &book)?)
+}
 
-a part of a log with a start
-part /a.log 5 = next 2, 1 158, h1 Log /a.log 5 11
-is archive/seg.1 SEG_1 BEGUN
+// The book of a segment in which these bytes are held back.
+pub(crate) fn holds_back(
+    alloc: Global,
+    site: &mut SiteMem,
+    who: &Who,
+    name: &str,
+    start: u32,
+) -> Result<String, JobFault> {
+    let mut book = Book::new(alloc);
+    let chunk = hello(alloc, name, start)?;
+    let mut segmenter = book.begin_segment(alloc, site, who, archive_folder())?;
+    segmenter.aside(alloc, site, &chunk.lend())?;
+    segmenter.finish_aside(alloc, site, &mut book)?;
+    Ok(book_text(alloc, &book)?)
+}
 
-set aside
-aside /a.log 0 = next 2, aside 1 144
-is archive/seg.1 SEG_1 HELLO
+// A book that has begun a segment.
+pub(crate) fn begins(
+    alloc: Global,
+    site: &mut SiteMem,
+    who: &Who,
+    next: u64,
+) -> Result<String, JobFault> {
+    let mut book = Book::new(alloc);
+    book.next = next;
+    let _segmenter = book.begin_segment(alloc, site, who, archive_folder())?;
+    Ok(book_text(alloc, &book)?)
+}
 
-the last number
-begins 9223372036854775807 = spent 9223372036854775807
-is archive/seg.1
-
-a segment without chunks
-begins 1
-is archive/seg.1 SEG_1
-
-an empty book
-publishes
-is archive/book HEAD 1 #0 #0
-book = next 1
-";
-
-#[test]
-fn written(rt: HostRuntime) -> Result<(), Fail> {
-    follows_each(rt.alloc(), WRITTEN)
+// A book without segments that is published.
+pub(crate) fn publishes(alloc: Global, site: &mut SiteMem, who: &Who) -> Result<String, JobFault> {
+    let book = Book::new(alloc);
+    book.publish(alloc, site, who, archive_folder())?;
+    Ok(book_text(alloc, &book)?)
 }

@@ -3,27 +3,20 @@
 //! `status` runs `df`, which does no more.
 #![tactic(auto)]
 
-mod agents;
-mod auditing;
-mod free;
-mod locks;
-mod progress;
-mod status;
+mod disk;
+mod machine;
 
-use crate::auditing::{whole_store, words_there};
-use crate::progress::site_for;
-use crate::status::run_status;
-use chk_ctl_line::{Command, WordsFault, read_words, usage_of};
-use chk_ctl_run::{Outcome, Usage, run};
+use crate::machine::HostMachine;
+use chk_ctl_inspect::inspect;
 use std::fs::{File, OpenOptions};
 use std::os::fd::AsRawFd;
 use std::process::ExitCode;
 use std::{env, io};
 
-/// The status where the system doesn't give the words.
+/// The status if the system doesn't give the words.
 const OUTSIDE: u8 = 3;
 
-/// The status for want of memory.
+/// The status if there is no memory.
 const NO_MEMORY: u8 = 4;
 
 fn main(rt: HostRuntime) -> ExitCode {
@@ -56,7 +49,6 @@ fn words_given(rt: HostRuntime) -> Result<Vec<String>, u8> {
     }
 }
 
-// Runs the command, and tells on standard error how it ended and which call failed last.
 fn run_given(rt: HostRuntime, given: &[String]) -> u8 {
     let mut words: Vec<&str> = Vec::new(rt.alloc());
     for word in given {
@@ -64,69 +56,6 @@ fn run_given(rt: HostRuntime, given: &[String]) -> u8 {
             return NO_MEMORY;
         }
     }
-    if usage_of(words.as_slice()) == Usage::Status {
-        return run_status(rt, words.as_slice());
-    }
-    let whole = match whole_store(rt, words.as_slice()) {
-        Ok(whole) => whole,
-        Err(status) => return status,
-    };
-    let store = match store_in(rt, words.as_slice()) {
-        Ok(store) => store,
-        Err(status) => return status,
-    };
-    if let Some(store) = store {
-        if let Err(error) = env::set_current_dir(&rt, store) {
-            let _told = eprintln!(rt; "chukwactl: {store}: {error}");
-            return OUTSIDE;
-        }
-    }
-    match &whole {
-        Some(path) => run_words(rt, &words_there(path.to_string_lossy())),
-        None => run_words(rt, words.as_slice()),
-    }
-}
-
-// The same in the folder that is looked at.
-fn run_words(rt: HostRuntime, words: &[&str]) -> u8 {
-    let mut site = site_for(rt, words);
-    let outcome = run(rt.alloc(), &mut site, words);
-    site.clear();
-    if let Some(failure) = site.site.failure() {
-        let _told = eprintln!(rt; "chukwactl: {failure}");
-    }
-    tell(rt, &outcome);
-    outcome.status()
-}
-
-// The folder that is looked at, a store or an agent's, where the words name one, as `check`
-// doesn't; or how the program ends for want of memory, since it would look at the current folder
-// else.
-fn store_in<'a>(rt: HostRuntime, words: &'a [&'a str]) -> Result<Option<&'a str>, u8> {
-    match read_words(rt.alloc(), words) {
-        Ok(Command::Audit(words)) => Ok(Some(words.agent)),
-        Ok(Command::Cat(words)) => Ok(Some(words.store)),
-        Ok(Command::Streams(store)) => Ok(Some(store)),
-        Ok(Command::Verify(store)) => Ok(Some(store)),
-        Ok(Command::Sum(store)) => Ok(Some(store)),
-        Ok(Command::Held(store)) => Ok(Some(store)),
-        Ok(Command::Passed(words)) => Ok(Some(words.agent)),
-        Ok(Command::Check(_)) | Ok(Command::HeldIn(_)) => Ok(None),
-        Ok(Command::Help(_)) | Ok(Command::Version) => Ok(None),
-        Err(WordsFault::Usage) => Ok(None),
-        Err(WordsFault::NoMemory) => Err(NO_MEMORY),
-    }
-}
-
-// Tells how the command ended, where it isn't done.
-fn tell(rt: HostRuntime, outcome: &Outcome) {
-    match outcome {
-        Outcome::Done => {}
-        Outcome::Usage(_) => {
-            let _told = eprintln!(rt; "{outcome}");
-        }
-        _ => {
-            let _told = eprintln!(rt; "chukwactl: {outcome}");
-        }
-    }
+    let mut machine = HostMachine { rt, base: None };
+    inspect(rt.alloc(), &mut machine, words.as_slice())
 }

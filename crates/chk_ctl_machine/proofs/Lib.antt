@@ -1,0 +1,4 @@
+pub mod Inspections
+pub mod Lends
+pub mod Steps
+pub mod Causes

@@ -1,0 +1,8 @@
+use Rattle.chk_ctl_machine.specs.Stores.{seen, unseen}
+use Rattle.chk_ctl_machine.proofs.store.see_store.Goals as goal
+
+pub returns-in-Ok : goal.returns-in-Ok
+returns-in-Ok g c = seen c.in-Ok.ensures c.with_ages.ensures
+
+pub returns-in-Err : goal.returns-in-Err
+returns-in-Err g c = unseen c.in-Err.ensures

@@ -1,0 +1,10 @@
+pub mod Turns
+pub mod Extents
+pub mod Deeds
+pub mod Inspecting
+pub mod Lending
+pub mod Ages
+pub mod Stores
+pub mod Agents
+pub mod Locks
+pub mod Controls

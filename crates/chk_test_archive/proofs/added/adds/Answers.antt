@@ -1,8 +1,0 @@
-use Rattle.std.proofs.Common.{refl, arith}
-use Rattle.std.specs.Prelude.{codes}
-use Rattle.std.proofs.lemmas.Bool.{and_from}
-use Rattle.chk_bytes.proofs.WordLemmas.{plain_word}
-use Rattle.chk_test_archive.proofs.added.adds.Goals as goal
-
-pub add_segment-requires-clause-folder : goal.add_segment-requires-clause-folder
-add_segment-requires-clause-folder c = and_from _ _ (plain_word (codes "archive") refl (omega arith) (omega arith)) refl

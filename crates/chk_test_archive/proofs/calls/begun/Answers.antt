@@ -1,8 +1,0 @@
-use Rattle.std.proofs.Common.{refl, arith}
-use Rattle.std.specs.Prelude.{codes}
-use Rattle.std.proofs.lemmas.Bool.{and_from}
-use Rattle.chk_bytes.proofs.WordLemmas.{plain_word}
-use Rattle.chk_test_archive.proofs.calls.begun.Goals as goal
-
-pub begin_segment-requires : goal.begin_segment-requires
-begin_segment-requires c = and_from _ _ (plain_word (codes "archive") refl (omega arith) (omega arith)) refl
