@@ -348,7 +348,7 @@ class Room:
         return os.pread(self.printed_to.fileno(), 1 << 20, 0).decode(errors="replace")
 
     def do_prints(self, step):
-        """The program that goes on has printed just this, at once or soon."""
+        """The program that continues has printed just this, at once or soon."""
         wanted, until = lines_of(step.text), time.monotonic() + SOON
         while self.printed() != wanted and self.going.poll() is None and time.monotonic() < until:
             time.sleep(0.02)
